@@ -4,7 +4,7 @@ import math
 import re
 from array import array
 from dataclasses import dataclass
-from itertools import chain
+from itertools import chain, zip_longest
 from typing import Any, Dict, Iterable, List, Mapping, Optional, Sequence, Tuple, Union
 
 from .answers import NUMBERS, Figures
@@ -202,17 +202,16 @@ def _judged(path: str, places: Places, edges: Iterable[Sequence[Any]], rotations
 
 def _verdict_of_numbers(path: str, places: Any, edges: Any, names: Optional[Sequence[Any]] = None) -> Optional[Checked]:
     """The verdict on a drawing in whole numbers, or None where something about it is to be looked at more closely."""
-    given: Any = chain.from_iterable(edges)
-    if type(places) is dict:
-        names, places = list(places), list(places.values())
-        given = map(dict(zip(names, range(len(names)))).__getitem__, given)
-    elif type(places) not in _LISTS:
-        return None
     try:
-        if not _TWO.issuperset(map(len, edges)):
+        us, vs = zip_longest(*edges) if edges else ((), ())
+        if type(places) is dict:
+            names, places = list(places), list(places.values())
+            of = dict(zip(names, range(len(names)))).__getitem__
+            us, vs = map(of, us), map(of, vs)
+        elif type(places) not in _LISTS:
             return None
-        found = checked_edges(path, places, given, len(edges))
-    except (KeyError, TypeError):
+        found = checked_edges(path, places, len(edges), us, vs)
+    except (KeyError, TypeError, ValueError):
         return None
     if not found:
         return None
@@ -222,7 +221,6 @@ def _verdict_of_numbers(path: str, places: Any, edges: Any, names: Optional[Sequ
 
 
 _LISTS = frozenset([list, tuple])
-_TWO = frozenset([2])
 
 
 def _paired(places: Places, edges: Iterable[Sequence[Any]]) -> Tuple[List[Place], List[Edge], List[Any]]:

@@ -67,6 +67,8 @@ def faces_of(lists: AnyMap) -> Lists:
 
 def _walked(lists: AnyMap) -> Lists:
     following = {(u, v): (v, us[(k + 1) % len(us)]) for v, us in enumerate(lists, 1) for k, u in enumerate(us)}
+    if len(following) != sum(map(len, lists)) or any(v == u for v, u in following):
+        raise KeyError("the lists are no simple map: one holds its own vertex, or another one twice")
     seen: Set[Edge] = set()
     faces: Lists = []
     for first in ((v, u) for v, us in enumerate(lists, 1) for u in us):

@@ -8,12 +8,12 @@ from __future__ import annotations
 import ctypes
 import functools
 from array import array
-from itertools import chain
+from itertools import chain, zip_longest
 from struct import Struct, error
-from typing import Any, Callable, List, Mapping, Optional, Sequence, Tuple, Union
+from typing import Any, Callable, Iterable, List, Mapping, Optional, Sequence, Tuple, Union
 
 from .answers import COLUMNS, NUMBERS, ROOM, Counts, Embeddings, Figures, Graphs, refused
-from .arrays import SIZE, SIZES, Map, Maps, zeros
+from .arrays import LOW, MOST_NARROW, SIZE, SIZES, Map, Maps, zeros
 from .formats import MOST_VERTICES, AnyMap, Lists, Place, Refused
 from .library import loaded
 
@@ -33,7 +33,6 @@ _TYPES: Mapping[str, List[Any]] = {
 YES: Tuple[str, Tuple[int, ...]] = ("yes", ())
 _SOME = array("Q", [0])  # what an array of no elements is at
 _NONE = bytes(4 * NUMBERS)  # the numbers beside a status
-_TWO = frozenset([2])
 
 
 @functools.lru_cache(maxsize=None)
@@ -154,8 +153,9 @@ def _packed(count: int, code: str) -> Callable[..., bytes]:
     return Struct(f"{count}{code}").pack
 
 
-def checked_edges(path: str, places: Sequence[Any], ends: Any, count: int) -> Optional[Tuple[str, Tuple[int, ...]]]:
-    """The verdict of the library on a straight-line drawing of so many edges, given by their two ends, from 0, one behind another.
+def checked_edges(path: str, places: Sequence[Any], count: int, us: Iterable[Any],
+                  vs: Iterable[Any]) -> Optional[Tuple[str, Tuple[int, ...]]]:
+    """The verdict of the library on a straight-line drawing of so many edges, given by their ends, from 0.
 
     None where the places are none of whole numbers in the library's range, the edges are those of no simple graph, or an older
     library has no such call.
@@ -164,17 +164,26 @@ def checked_edges(path: str, places: Sequence[Any], ends: Any, count: int) -> Op
     if call is None:
         return None
     try:
-        if not _TWO.issuperset(map(len, places)):
-            return None
-        xs, ys = zip(*places) if places else ((), ())
-        whole, pairs = _packed(vertices, "i"), _packed(2 * count, "H")(*ends)
+        xs, ys = zip_longest(*places) if places else ((), ())
+        whole, pairs = _packed(vertices, "i"), _pairs(vertices, count, us, vs)
         status = call(pairs, count, whole(*xs), vertices, whole(*ys), vertices, found.buffer_info()[0])
-    except (TypeError, error):
+    except (OverflowError, TypeError, ValueError, error):
         return None
     if not status:
         return YES
     name, numbers = CHECKS.get(status, ("", 0))
     return (name, tuple(found[:numbers])) if name else None
+
+
+def _pairs(vertices: int, count: int, us: Iterable[Any], vs: Iterable[Any]) -> bytes:
+    """So many edges as the library takes them. Raises ValueError, OverflowError or TypeError where an end is no number."""
+    if vertices <= MOST_NARROW:
+        narrow = bytearray(4 * count)
+        narrow[LOW::4], narrow[LOW + 2::4] = bytes(us), bytes(vs)
+        return bytes(narrow)
+    wide = zeros("H", 2 * count)
+    wide[::2], wide[1::2] = array("H", list(us)), array("H", list(vs))
+    return wide.tobytes()
 
 
 # What is inside
