@@ -177,6 +177,9 @@ class Library(unittest.TestCase):
             many, single, told = self.answers(pigale.embed, given)
             self.assertIsInstance(many, pigale.Embeddings)
             self.assertEqual((many, single), (told, told))
+        for most in (1, 7):
+            with unittest.mock.patch("pigale.typed.AT_A_TIME", most):
+                self.assertEqual(self.answers(pigale.embed, graphs)[0], told)
         self.assertEqual(sum(many.table().values()), len(graphs))
         self.assertEqual(many.table()["planar"], sum(isinstance(answer, pigale.GridFigure) for answer in told))
         with self.assertRaises(pigale.PigaleError):

@@ -276,7 +276,6 @@ def _list_of_graphs(graphs: Iterable[Any]) -> List[Any]:
 def _graph_arrays(graphs: List[Any]) -> Any:
     """Graphs and the ends of their edges as arrays, or None where a line is none of graph6 of up to 255 vertices. Raises ValueError as `_lines` does."""
     from .answers import Graphs, ends_of_edges, ends_of_line
-    from .arrays import doubled
     counts: List[int] = []
     sizes: List[int] = []
     edges = bytearray()
@@ -296,4 +295,4 @@ def _graph_arrays(graphs: List[Any]) -> Any:
         counts.append(found[0])
         sizes.append(len(found[1]) // 2)
         edges += found[1]
-    return Graphs(graphs, counts, sizes), doubled(edges)
+    return Graphs(graphs, counts, sizes), edges

@@ -13,7 +13,7 @@ from struct import Struct, error
 from typing import Any, Callable, Iterable, List, Mapping, Optional, Sequence, Tuple, Union
 
 from .answers import COLUMNS, NUMBERS, ROOM, Counts, Embeddings, Figures, Graphs, refused
-from .arrays import LOW, MOST_NARROW, SIZE, SIZES, Map, Maps, zeros
+from .arrays import LOW, MOST_NARROW, SIZE, Map, Maps, doubled, zeros
 from .formats import MOST_VERTICES, AnyMap, Lists, Place, Refused
 from .library import loaded
 
@@ -217,24 +217,43 @@ def labelled_edges(path: str, given: Map) -> Union[bytes, Refused, None]:
 
 # Graphs
 
-def embedded_all(path: str, graphs: Graphs, edges: array[int]) -> Embeddings:
+def embedded_all(path: str, graphs: Graphs, edges: bytes) -> Embeddings:
     """Maps of graphs with their drawings, or the witnesses that they have none, by the library.
 
     `edges` has the two ends of each edge, from 0, one edge behind another. A graph with a fault of its edges, as a loop, has a
     status from 20 to 22.
     """
     found, call = Embeddings(graphs), _call(path, "embed_many")
-    if call:
-        status = call(*_words(graphs.vertex_ends, graphs.edge_ends), *_all(edges, 2),
-                      *_words(found.ends, found.neighbours, found.x, found.y, found.statuses), *_all(found.found, NUMBERS))
-    else:
-        status, call = 0, _call(path, "embed")
-        pairs, ends, neighbours, x, y, numbers = (values.buffer_info()[0] or _SOME.buffer_info()[0] for values in (
-            edges, found.ends, found.neighbours, found.x, found.y, found.found))
-        for index in range(len(graphs)):
-            (first, end), (start, stop) = graphs.vertices_of(index), graphs.edges_of(index)
-            n, m = end - first, stop - start
-            found.statuses[index] = call(n, pairs + 4 * start, m, ends + SIZES[SIZE] * (first + ROOM * index), n + ROOM,
-                                         neighbours + 4 * start, 2 * m, x + 4 * first, n, y + 4 * first, n, numbers + 16 * index)
-    _refuse_any(status, found.statuses)
+    most = AT_A_TIME if call else 1
+    for index in range(0, len(graphs), most):
+        status = _embed_some(call or _call(path, "embed"), found, edges, index, min(index + most, len(graphs)))
+        if call:
+            _refuse(status)
+        else:
+            found.statuses[index] = status
+    _refuse_any(0, found.statuses)
     return found
+
+
+AT_A_TIME = 512  # graphs that are embedded in a call, since their edges are made wider for it
+
+
+def _embed_some(call: Any, found: Embeddings, edges: bytes, index: int, stop: int) -> int:
+    """Embeds the graphs from an index to another, and returns the status of the call, which is for many graphs or for one."""
+    graphs = found.graphs
+    (first, _), (start, _) = graphs.vertices_of(index), graphs.edges_of(index)
+    (_, end), (_, last) = graphs.vertices_of(stop - 1), graphs.edges_of(stop - 1)
+    room = ROOM * (stop - index)
+    pairs = doubled(edges[2 * start:2 * last])
+    answers = [_at(found.ends, first + ROOM * index), end - first + room, _at(found.neighbours, 2 * start), 2 * (last - start),
+               _at(found.x, first), end - first, _at(found.y, first), end - first]
+    if stop - index == 1 and call.argtypes == _TYPES["embed"]:
+        return int(call(end - first, *_all(pairs, 2), *answers, _at(found.found, NUMBERS * index)))
+    cuts = [array(SIZE, [at - before for at in ends[index:stop]]) for ends, before in ((graphs.vertex_ends, first), (graphs.edge_ends, start))]
+    return int(call(*_words(*cuts), *_all(pairs, 2), *answers, _at(found.statuses, index), stop - index,
+                    _at(found.found, NUMBERS * index), stop - index))
+
+
+def _at(values: array[int], index: int) -> int:
+    """The address of an element of an array, or of what would be one."""
+    return (values.buffer_info()[0] or _SOME.buffer_info()[0]) + values.itemsize * index
