@@ -8,11 +8,11 @@ import json
 import math
 import os
 import unicodedata
-from collections import defaultdict
+from bisect import bisect_left, bisect_right
 from collections.abc import Sequence as SequenceType
 from dataclasses import dataclass, replace
 from functools import lru_cache
-from typing import Any, Callable, Dict, FrozenSet, Iterable, List, Mapping, Optional, Sequence, Tuple, Union, cast
+from typing import Any, Callable, Dict, FrozenSet, Iterable, Iterator, List, Mapping, Optional, Sequence, Tuple, Union, cast
 
 from .formats import (FIGURES, GRID_JOBS, BarFigure, Edge, Figure, GridFigure, Lists, RectFigure, WitnessFigure, join_words,
                       read_graph6)
@@ -433,58 +433,40 @@ def _dot_sizes(dots: List[Dot], edges: List[Edge], size: float, look: PictureLoo
 
 
 class _Near:
-    """Boxes and lines by the cells of a square lattice: in each cell those that may meet a box with its middle there.
+    """What comes near each dot of a picture, so that a label beside it may meet it: lines and other dots.
 
-    Such a box reaches at most `half` to the left and to the right of its middle, and `tall` up and down.
+    A label beside a dot reaches at most `across` to its left and right, and `up` above and below it.
     """
 
-    def __init__(self, cell: float, half: float, tall: float) -> None:
-        self.cell, self.half, self.tall = cell, half + 0.001 * cell, tall + 0.001 * cell
-        self.boxes: Dict[Tuple[int, int], List[Tuple[Box, int]]] = defaultdict(list)
-        self.lines: Dict[Tuple[int, int], List[Line]] = defaultdict(list)
+    def __init__(self, dots: List[Dot], edges: List[Edge], across: float, up: float) -> None:
+        self.dots, self.across, self.up = dots, 1.001 * across, 1.001 * up
+        self.row = sorted([(x, y, v) for v, (x, y) in enumerate(dots, 1)])
+        self.xs = [x for x, _, _ in self.row]
+        self.own: List[List[Line]] = [[] for _ in dots]
+        self.lines: List[List[Line]] = [[] for _ in dots]
+        for a, b in edges:
+            line = (*dots[a - 1], *dots[b - 1])
+            self.own[a - 1].append(line)
+            self.own[b - 1].append(line)
+            self.put_line(line, a, b)
 
-    def of(self, at: Dot) -> Tuple[int, int]:
-        """The cell of a middle."""
-        return math.floor(at[0] / self.cell), math.floor(at[1] / self.cell)
+    def put_line(self, line: Line, a: int, b: int) -> None:
+        """Puts a line with the dots that it comes near, but for its ends."""
+        x1, y1, x2, y2 = line
+        dx, dy, across, up, lines = x2 - x1, y2 - y1, self.across, self.up, self.lines
+        left, right = (x1, x2) if dx >= 0 else (x2, x1)
+        low, high = (y1 - up, y2 + up) if dy >= 0 else (y2 - up, y1 + up)
+        most = across * abs(dy) + up * abs(dx)
+        for x, y, v in self.row[bisect_left(self.xs, left - across):bisect_right(self.xs, right + across)]:
+            if low <= y <= high and -most <= (x - x1) * dy - (y - y1) * dx <= most and v != a and v != b:
+                lines[v - 1].append(line)
 
-    def put(self, box: Box, v: int) -> None:
-        """Puts a box that belongs to vertex v."""
-        (left, top), (right, bottom) = self.of((box[0] - self.half, box[1] - self.tall)), self.of((box[2] + self.half, box[3] + self.tall))
-        for i in range(left, right + 1):
-            for j in range(top, bottom + 1):
-                self.boxes[i, j].append((box, v))
-
-    def put_line(self, one: Dot, other: Dot) -> None:
-        """Puts a line, column by column of the cells."""
-        cell, half, tall, lines, line = self.cell, self.half, self.tall, self.lines, (*one, *other)
-        (x1, y1), (x2, y2) = (one, other) if one <= other else (other, one)
-        slope = (y2 - y1) / (x2 - x1) if x2 > x1 else 0.0
-        for i in range(math.floor((x1 - half) / cell), math.floor((x2 + half) / cell) + 1):
-            left, right = i * cell - half, (i + 1) * cell + half
-            low = y1 if left <= x1 else y1 + (left - x1) * slope
-            high = y2 if right >= x2 else y1 + (right - x1) * slope
-            if low > high:
-                low, high = high, low
-            for j in range(math.floor((low - tall) / cell), math.floor((high + tall) / cell) + 1):
-                lines[i, j].append(line)
-
-    def is_free(self, box: Box, key: Tuple[int, int], v: int) -> bool:
-        """Whether no box of another vertex meets this one, the middle of which is in a cell."""
-        left, top, right, bottom = box
-        for (x1, y1, x2, y2), u in self.boxes.get(key, ()):
-            if left < x2 and x1 < right and top < y2 and y1 < bottom and u != v:
-                return False
-        return True
-
-    def covered(self, box: Box, key: Tuple[int, int], most: int) -> int:
-        """How many lines have a point in a box, the middle of which is in a cell; counted no further than to `most`."""
-        count = 0
-        for line in self.lines.get(key, ()):
-            if _crosses(box, line):
-                count += 1
-                if count == most:
-                    break
-        return count
+    def dots_about(self, v: int) -> List[Tuple[float, float, int]]:
+        """The other dots that are near enough to vertex v for their labels to meet."""
+        x, y = self.dots[v - 1]
+        across, up = 2 * self.across, 2 * self.up
+        return [near for near in self.row[bisect_left(self.xs, x - across):bisect_right(self.xs, x + across)]
+                if -up <= near[1] - y <= up and near[2] != v]
 
 
 def _crosses(box: Box, line: Line) -> bool:
@@ -504,6 +486,8 @@ def _crosses(box: Box, line: Line) -> bool:
 
 TURNS = [k * math.pi / 8 for k in range(16)]  # of the places of a label about its dot
 ROUNDS = [(math.cos(turn), math.sin(turn)) for turn in TURNS]
+QUARTER = [0, 1, 2, 3, 4, 3, 2, 1, 0, 1, 2, 3, 4, 3, 2, 1]  # the turn in the first quarter that each is like
+_ALIKE = 1e-9  # angles that differ by less are taken for like ones
 
 
 def _label_places(dots: List[Dot], edges: List[Edge], radius: float, size: float, look: PictureLook) -> List[Tuple[int, Dot]]:
@@ -514,45 +498,117 @@ def _label_places(dots: List[Dot], edges: List[Edge], radius: float, size: float
     only those have numbers that stand apart.
     """
     halves = [text_width(look.label(v)) / 2 * size + 0.06 * size for v in range(1, len(dots) + 1)]
-    near = _Near(2 * size, max(halves, default=0.0), 0.42 * size)
     apart = radius + (0.6 * size if len(dots) > 100 else 0.06 * size)
-    around: List[List[float]] = [[] for _ in dots]
-    for a, b in edges:
-        one, other = dots[a - 1], dots[b - 1]
-        near.put_line(one, other)
-        turn = math.atan2(other[1] - one[1], other[0] - one[0])
-        around[a - 1].append(turn)
-        around[b - 1].append(turn + math.pi)
-    for v, (x, y) in enumerate(dots, 1):
-        near.put((x - apart, y - apart, x + apart, y + apart), v)
+    near = _Near(dots, edges, max(apart, radius + 2 * max(halves, default=0.0) + 0.1 * size), max(apart, radius + 0.9 * size))
+    around = _turns_of_lines(dots, edges)
+    clear = {half: _clear_turns(half, radius, size) for half in set(halves)}
+    placed: Dict[int, Box] = {}
     found = []
     for v, (dot, half) in enumerate(zip(dots, halves), 1):
+        others = near.dots_about(v)
+        boxes = [(x - apart, y - apart, x + apart, y + apart) for x, y, _ in others]
+        boxes += [placed[u] for _, _, u in others if u in placed]
+        lines, own, is_clear = near.lines[v - 1], near.own[v - 1], clear[half]
         fewest, best = len(edges) + 1, None
         # the first that covers no line is the best, and else the first that covers fewest
-        for at in _places_about(dot, around[v - 1], radius + half + 0.1 * size, radius + 0.48 * size):
-            box = (at[0] - half, at[1] - 0.42 * size, at[0] + half, at[1] + 0.42 * size)
-            key = near.of(at)
-            if near.is_free(box, key, v):
-                covered = near.covered(box, key, fewest)
+        for aside, k, at in _places_about(dot, around[v - 1], radius + half + 0.1 * size, radius + 0.48 * size):
+            left, top, right, bottom = box = (at[0] - half, at[1] - 0.42 * size, at[0] + half, at[1] + 0.42 * size)
+            for x1, y1, x2, y2 in boxes:
+                if left < x2 and x1 < right and top < y2 and y1 < bottom:
+                    break
+            else:
+                covered = _covered(box, lines, fewest)
+                if covered < fewest and aside <= is_clear[QUARTER[k]]:
+                    covered += _covered(box, own, fewest)
                 if covered < fewest:
                     fewest, best = covered, (at, box)
                     if not covered:
                         break
         if best:
-            near.put(best[1], v)
+            placed[v] = best[1]
             found.append((v, best[0]))
     return found
 
 
-def _places_about(dot: Dot, around: List[float], across: float, up: float) -> List[Dot]:
-    """Sixteen places round a dot, of which those come first that are farthest from the directions of its lines."""
+def _covered(box: Box, lines: List[Line], most: int) -> int:
+    """How many lines have a point in a box; counted no further than to `most`."""
+    count = 0
+    for line in lines:
+        if _crosses(box, line):
+            count += 1
+            if count == most:
+                break
+    return count
+
+
+def _turns_of_lines(dots: List[Dot], edges: List[Edge]) -> List[List[float]]:
+    """The angles of the lines at each dot."""
+    around: List[List[float]] = [[] for _ in dots]
+    for a, b in edges:
+        (x1, y1), (x2, y2) = dots[a - 1], dots[b - 1]
+        turn = math.atan2(y2 - y1, x2 - x1)
+        around[a - 1].append(turn)
+        around[b - 1].append(turn + math.pi)
+    return around
+
+
+def _clear_turns(half: float, radius: float, size: float) -> List[float]:
+    """For each turn of the first quarter the angle within which a line from the dot may meet the label there."""
+    tall, found = 0.42 * size, []
+    for turn, (cos, sin) in zip(TURNS[:5], ROUNDS):
+        x, y = cos * (radius + half + 0.1 * size), sin * (radius + 0.48 * size)
+        if abs(x) <= half and abs(y) <= tall:
+            found.append(4.0)
+        else:
+            corners = [math.atan2(y + up, x + across) for across in (-half, half) for up in (-tall, tall)]
+            found.append(max(abs(math.remainder(corner - turn, 2 * math.pi)) for corner in corners) + _ALIKE)
+    return found
+
+
+def _places_about(dot: Dot, around: List[float], across: float, up: float) -> Iterator[Tuple[float, int, Dot]]:
+    """Sixteen places round a dot, of which those come first that are farthest from the directions of its lines.
+
+    Each comes with its angle from the nearest of these, and the number of its turn. Of those that are as far the leftmost comes
+    first, and then the highest.
+    """
     x, y = dot
-    remainder, whole = math.remainder, 2 * math.pi
-    if around:
-        asides = [-min([abs(remainder(turn - other, whole)) for other in around]) for turn in TURNS]
-    else:
-        asides = [-4.0] * len(TURNS)
-    return [at for _, at in sorted(zip(asides, [(x + cos * across, y + sin * up) for cos, sin in ROUNDS]))]
+    asides = _asides(around)
+    order = sorted(range(len(TURNS)), key=asides.__getitem__, reverse=True)
+    at = 0
+    while at < len(order):
+        start, k = at, order[at]
+        at += 1
+        while at < len(order) and asides[k] - asides[order[at]] < _ALIKE:
+            at += 1
+        if at == start + 1:
+            cos, sin = ROUNDS[k]
+            yield asides[k], k, (x + cos * across, y + sin * up)
+            continue
+        alike = [(-_aside(around, k), (x + ROUNDS[k][0] * across, y + ROUNDS[k][1] * up), k) for k in order[start:at]]
+        for aside, place, k in sorted(alike):
+            yield -aside, k, place
+
+
+def _aside(around: List[float], k: int) -> float:
+    """The angle of a turn from the nearest of some angles, exactly."""
+    turn, remainder, whole = TURNS[k], math.remainder, 2 * math.pi
+    return min([abs(remainder(turn - other, whole)) for other in around], default=4.0)
+
+
+def _asides(around: List[float]) -> List[float]:
+    """The angle of each turn from the nearest of some angles, nearly."""
+    if not around:
+        return [4.0] * len(TURNS)
+    whole = 2 * math.pi
+    turns = sorted([turn % whole for turn in around])
+    turns.append(turns[0] + whole)
+    before, after, k, asides = turns[-2] - whole, turns[0], 0, []
+    for turn in TURNS:
+        while after <= turn:
+            k += 1
+            before, after = after, turns[k]
+        asides.append(turn - before if turn - before < after - turn else after - turn)
+    return asides
 
 
 # Bars and rectangles
