@@ -203,7 +203,8 @@ def _judged(path: str, places: Places, edges: Iterable[Sequence[Any]], rotations
 def _verdict_of_numbers(path: str, places: Any, edges: Any, names: Optional[Sequence[Any]] = None) -> Optional[Checked]:
     """The verdict on a drawing in whole numbers, or None where something about it is to be looked at more closely."""
     try:
-        us, vs = zip_longest(*edges) if edges else ((), ())
+        columns: Any = zip_longest(*edges) if edges else ((), ())
+        us, vs = columns
         if type(places) is dict:
             names, places = list(places), list(places.values())
             of = dict(zip(names, range(len(names)))).__getitem__

@@ -164,7 +164,8 @@ def checked_edges(path: str, places: Sequence[Any], count: int, us: Iterable[Any
     if call is None:
         return None
     try:
-        xs, ys = zip_longest(*places) if places else ((), ())
+        columns: Any = zip_longest(*places) if places else ((), ())
+        xs, ys = columns
         whole, pairs = _packed(vertices, "i"), _pairs(vertices, count, us, vs)
         status = call(pairs, count, whole(*xs), vertices, whole(*ys), vertices, found.buffer_info()[0])
     except (OverflowError, TypeError, ValueError, error):
