@@ -23,6 +23,8 @@ HERE = os.path.dirname(os.path.abspath(__file__))
 EXAMPLES = os.path.join(HERE, "..", "examples")
 sys.path.insert(0, HERE)
 import pigale  # noqa: E402
+import pigale.tables  # noqa: E402
+import pigale.workers  # noqa: E402
 
 SMALL = {"LEAST_PART": 16, "MOST_PART": 200, "MOST_COUNTED": 300}
 FIGURE = b"figure 1 shift 3\n1 at 2 0: 2 3\n2 at 0 0: 3 1\n3 at 1 1: 1 2\n"
@@ -67,6 +69,11 @@ def planar_code():
 
 
 class Parts(unittest.TestCase):
+    def setUp(self):
+        patched = unittest.mock.patch.dict(os.environ, PIGALE_LIBRARY="")
+        patched.start()
+        self.addCleanup(patched.stop)
+
     def assert_same(self, words, data):
         read = mended(words[0], data) if words[0] in ("embed", "verify") else data
         self.assertEqual(in_parts(words, data), one_run(words, read), f"{words} on {data[:60]!r}.. of {len(data)} bytes")
@@ -206,7 +213,7 @@ class Faults(unittest.TestCase):
                 file.write(f"#!/bin/bash\nreal='{pigale.program()}' folder='{folder}'\n{body}\n")
             os.chmod(path, 0o755)
             sink, troubles = io.BytesIO(), []
-            with unittest.mock.patch.dict(os.environ, PIGALE=path), unittest.mock.patch.multiple(pigale.parallel, **SMALL):
+            with unittest.mock.patch.dict(os.environ, PIGALE=path, PIGALE_LIBRARY=""), unittest.mock.patch.multiple(pigale.parallel, **SMALL):
                 status = pigale.run_all(words or ["count"], io.BytesIO(planar_code()[0] if data is None else data), sink, processes,
                                         lambda progress: troubles.append(progress.trouble))
             return status, sink.getvalue(), troubles[-1]
@@ -289,7 +296,7 @@ class Faults(unittest.TestCase):
                     file.write(f"#!/bin/sh\ntouch '{folder}/'$$\nexec sleep 60\n")
                 os.chmod(path, 0o755)
                 running = subprocess.Popen([sys.executable, os.path.join(HERE, "pigale.py"), "all", "count", "-j", "3"], stdin=subprocess.PIPE,
-                                           stdout=subprocess.PIPE, stderr=subprocess.PIPE, env={**os.environ, "PIGALE": path},
+                                           stdout=subprocess.PIPE, stderr=subprocess.PIPE, env={**os.environ, "PIGALE": path, "PIGALE_LIBRARY": ""},
                                            # a shell starts what runs behind it with SIGINT ignored
                                            preexec_fn=lambda: signal.signal(number, signal.SIG_DFL))
                 running.stdin.write(pigale.HEADER + planar_code()[0][15:] * 20)
@@ -347,7 +354,7 @@ class Resumed(unittest.TestCase):
         with open(counted, "w", encoding="ascii") as file:
             file.write(f"#!/bin/sh\necho >> '{self.runs}'\nexec '{pigale.program()}' \"$@\"\n")
         os.chmod(counted, 0o755)
-        self.environment = {**os.environ, "PIGALE": counted}
+        self.environment = {**os.environ, "PIGALE": counted, "PIGALE_LIBRARY": ""}
 
     def begun(self, *words, mode="ab"):
         """The command `all` with a log, which appends to the file of the run."""
@@ -469,6 +476,63 @@ class Module(unittest.TestCase):
             next(answers)
         with self.assertRaisesRegex(ValueError, "map 3"):
             list(pigale.stream("count", [[[]], [[]], [[]] * 5000]))
+
+
+@unittest.skipUnless(pigale.workers.answering_library(), "there is no library that answers parts")
+class ByLibrary(Parts):
+    """The tests of parts once more, and what processes that have the library do besides."""
+
+    def setUp(self):
+        pass
+
+    def test_room_that_does_not_do(self):
+        with unittest.mock.patch.object(pigale.worker, "ROOM", 0):
+            self.assert_same(["shift", "--form", "svg"], planar_code()[0])
+
+    def test_words_and_bad_places(self):
+        self.assertEqual(in_parts(["count", "--form=svg"], planar_code()[0]), (2, b"stop BadWords\n"))
+        for data in planar_code()[:4]:
+            self.assertEqual(in_parts(["bars"], data + b"\0\0\0" + data), one_run(["bars"], data + b"\0\0\0" + data))
+
+    def test_numbers_that_the_library_does_not_have(self):
+        with unittest.mock.patch.object(pigale.parallel, "MOST_NUMBERED", 7):
+            self.assert_same(["shift"], planar_code()[0])
+
+    def killed(self, job, data, number):
+        """The status, the text and the trouble of a run of which each process is ended by a signal as often as told."""
+        sink, troubles, left = io.BytesIO(), [], [number]
+        hear = pigale.workers._Process.hear
+
+        def killing(process):
+            if left[0]:
+                left[0] -= 1
+                process.running.kill()
+            hear(process)
+
+        with unittest.mock.patch.multiple(pigale.parallel, **SMALL), unittest.mock.patch.object(pigale.workers._Process, "hear", killing):
+            status = pigale.run_all([job], io.BytesIO(data), sink, 3, lambda progress: troubles.append(progress.trouble))
+        return status, sink.getvalue(), troubles[-1]
+
+    def test_killed_processes(self):
+        """Those that are killed in the middle lose nothing, and nothing comes twice."""
+        for job, data in (("shift", planar_code()[0]), ("count", planar_code()[2]), ("bars", planar_code()[3])):
+            self.assertEqual(self.killed(job, data, 2), (*one_run([job], data), ""))
+        status, text, trouble = self.killed("shift", planar_code()[0], 1000)
+        self.assertEqual((status, text), (137, b""))
+        self.assertIn("ended by signal 9, 3 times, on the part that begins with record 1 at byte 0", trouble)
+
+    def test_tables(self):
+        """A table is the same by the library, by programs and of the text of one run."""
+        for job, data in (("count", planar_code()[2]), ("convex", planar_code()[3]), ("rect", planar_code()[0]), ("embed", content("graphs.g6"))):
+            tables = []
+            for path in (pigale.workers.answering_library(), ""):
+                tally = pigale.tables.Tally(job)
+                with unittest.mock.patch.dict(os.environ, PIGALE_LIBRARY=path), unittest.mock.patch.multiple(pigale.parallel, **SMALL):
+                    pigale.parallel.tabled(job, io.BytesIO(data), tally, 2)
+                tables.append(str(tally))
+            tally = pigale.tables.Tally(job)
+            tally.write(one_run([job], data)[1])
+            self.assertEqual(tables, [str(tally)] * 2)
 
 
 class Large(unittest.TestCase):

@@ -79,7 +79,8 @@ OFFERED = {
     "writers": "Look written",
 }
 MODULE_OF = {name: module for module, names in OFFERED.items() for name in names.split()}
-MODULES = {*OFFERED, "cli", "crossings", "drawing_commands", "kinds", "library", "parts", "rounds", "slips", "streams", "typed"}
+MODULES = {*OFFERED, "cli", "crossings", "drawing_commands", "kinds", "library", "parts", "programs", "rounds", "slips", "streams",
+           "tables", "typed", "worker", "workers"}
 
 
 def __getattr__(name: str) -> Any:

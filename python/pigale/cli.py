@@ -1,29 +1,21 @@
 """The command `pigale`, which is `python3 -m pigale` and `python3 python/pigale.py` too."""
+from __future__ import annotations
+
 import argparse
 import os
 import signal
-import subprocess
 import sys
 import time
-import zlib
-from typing import BinaryIO, Callable, List, Optional, Sequence, cast
+from typing import TYPE_CHECKING, BinaryIO, Callable, List, Optional, Sequence, cast
 
 from . import __version__
-from .checks import check, read_drawing, scaled
-from .drawing_commands import add_commands
-from .formats import Figure, read_figures, read_planar_code, write_planar_code
-from .kinds import reading_hint
-from .logs import Log
-from .makers import stacked
-from .page_texts import page, page_name, pages
-from .parallel import Progress, processors, run_all
-from .parts import unpacked
-from .pictures import STYLES, picture
-from .runs import HINTS, READING_JOBS, PigaleError, program, run
-from .slips import explained
+from .runs import HINTS, READING_JOBS, PigaleError
 from .streams import (Ended, InputFault, OutputFault, cut_output, end_by, forget_output, put, read_input, require_output, signals_end,
                       standard_input)
-from .tables import Tally
+
+if TYPE_CHECKING:
+    from .formats import Figure
+    from .parallel import Progress
 
 Arguments = argparse.Namespace
 
@@ -45,7 +37,7 @@ def main(given: Optional[Sequence[str]] = None) -> int:
         words = ["table", *(word for word in words if word != "--table")]
     elif words and words[0] not in (*COMMANDS, "--help", "-h", "--version"):
         return _of_program(words)
-    parser = _parser()
+    parser = _parser(words[:1])
     try:
         arguments = parser.parse_args(words)
     except SystemExit as end:
@@ -69,6 +61,10 @@ def main(given: Optional[Sequence[str]] = None) -> int:
 
 def _of_program(words: Sequence[str]) -> int:
     """Runs the program with words; returns its status, and says on standard error what there is to say of it."""
+    import subprocess
+
+    from .runs import program
+    from .slips import explained
     try:
         # what is found on the path may be this command once more, where its kind cannot be told
         if os.environ.get("PIGALE_HANDED_ON"):
@@ -90,11 +86,13 @@ def _say_if_it_waits(words: Sequence[str]) -> None:
     """Says what is awaited where a job reads and nothing is given but a terminal."""
     job = next((word for word in words if word in READING_JOBS), None)
     if job and sys.stdin is not None and sys.stdin.isatty():
+        from .kinds import reading_hint
         print(f"pigale: {reading_hint(job, b'')[0]}, and waits for it from the terminal; a file stands behind <, as in: "
               f"pigale {job} < FILE", file=sys.stderr)
 
 
-def _parser() -> argparse.ArgumentParser:
+def _parser(words: Sequence[str]) -> argparse.ArgumentParser:
+    """The commands; those alone that are named where these are quick to make, as `all` is."""
     parser = argparse.ArgumentParser(
         prog="pigale", description="Maps, figures and pictures of the program pigale.",
         epilog="Each command has a --help of its own. Statuses: 0, 1 after a no or a refusal, 2 for wrong words, 3 for what failed, "
@@ -109,7 +107,6 @@ def _parser() -> argparse.ArgumentParser:
         found.set_defaults(command=command)
         return found
 
-    add_commands(add)
     whole = add("all", _all, "runs a job on an input of any size, also of gzip or of files that were joined, over all processors")
     whole.add_argument("job", metavar="JOB", choices=READING_JOBS, help=f"as of the program: {', '.join(READING_JOBS)}")
     whole.add_argument("--form", choices=("text", "svg"), help="of figures, as of the program")
@@ -117,13 +114,17 @@ def _parser() -> argparse.ArgumentParser:
     whole.add_argument("--log", metavar="LOG", help="note in this file which parts of the input are done")
     whole.add_argument("--resume", action="store_true", help="go on behind what the log has; standard output is the file of the run, "
                        "appended to by >>")
+    table = commands.add_parser("table")  # by its one name `JOB --table`
+    table.add_argument("job")
+    table.set_defaults(command=_table)
+    if list(words) in (["all"], ["table"]):
+        return parser
+    from .drawing_commands import add_commands
+    add_commands(add)
     add("recode", _recode, "reads planar_code of any byte order, also of gzip or of joined files, and writes it as the program reads it")
     checked = add("check", _check_file, "prints the verdict on the drawing in a file of JSON or GraphML")
     checked.add_argument("--scale", action="store_true", help="round the places to whole numbers first")
     checked.add_argument("file", metavar="FILE", help="JSON with nodes (id, x, y) and edges (source, target), or GraphML (.graphml)")
-    table = commands.add_parser("table")  # by its one name `JOB --table`
-    table.add_argument("job")
-    table.set_defaults(command=_table)
     made = add("stacked", _stacked, "is `make stacked`, by its first name: the map that `pigale gen --size S --number N` makes")
     made.add_argument("size", metavar="S", type=int)
     made.add_argument("number", metavar="N", type=int)
@@ -138,6 +139,7 @@ def _parser() -> argparse.ArgumentParser:
 
 
 def _add_look(parser: argparse.ArgumentParser) -> None:
+    from .pictures import STYLES
     parser.add_argument("--side", metavar="N", type=float, help="the longer side of a picture, in pixels")
     parser.add_argument("--no-numbers", action="store_true", help="leave the numbers of vertices out")
     parser.add_argument("--style", metavar="WORDS", default="", help=f"joined by commas: {' and '.join(STYLES)}")
@@ -150,12 +152,16 @@ def _positive(text: str) -> int:
 
 
 def _all(arguments: Arguments) -> int:
+    from .parallel import processors, run_all
     words = [arguments.job] + (["--form", arguments.form] if arguments.form else [])
     if arguments.resume and not arguments.log:
         raise ValueError("--resume goes on behind a log, which --log LOG names")
-    log = Log(arguments.log, words, arguments.j or processors(), arguments.resume) if arguments.log else None
-    if log and log.done:
-        cut_output(log.length)
+    log = None
+    if arguments.log:
+        from .logs import Log
+        log = Log(arguments.log, words, arguments.j or processors(), arguments.resume)
+        if log.done:
+            cut_output(log.length)
     meter = _Meter(sys.stderr.isatty())
     try:
         status = run_all(words, standard_input(), cast(BinaryIO, _Output()), arguments.j, meter.tell, log=log)
@@ -167,9 +173,11 @@ def _all(arguments: Arguments) -> int:
 
 
 def _table(arguments: Arguments) -> int:
+    from .parallel import tabled
+    from .tables import Tally
     tally, meter = Tally(arguments.job), _Meter(sys.stderr.isatty())
     try:
-        status = run_all([arguments.job], standard_input(), cast(BinaryIO, tally), None, meter.tell, renumber=False)
+        status = tabled(arguments.job, standard_input(), tally, None, meter.tell)
     finally:
         meter.end()
     put(str(tally))
@@ -208,6 +216,10 @@ class _Meter:
 
 
 def _recode(_: Arguments) -> int:
+    import zlib
+
+    from .formats import read_planar_code, write_planar_code
+    from .parts import unpacked
     try:
         data = unpacked(standard_input())(-1)
     except (EOFError, zlib.error) as fault:
@@ -217,6 +229,7 @@ def _recode(_: Arguments) -> int:
 
 
 def _check_file(arguments: Arguments) -> int:
+    from .checks import check, read_drawing, scaled
     with open(arguments.file, encoding="utf-8") as file:
         places, edges = read_drawing(arguments.file, file.read())
     answer = check(scaled(places) if arguments.scale else places, edges)
@@ -225,11 +238,15 @@ def _check_file(arguments: Arguments) -> int:
 
 
 def _stacked(arguments: Arguments) -> int:
+    from .formats import write_planar_code
+    from .makers import stacked
     put(write_planar_code([stacked(arguments.size, arguments.number)]))
     return 0
 
 
 def _picture(arguments: Arguments) -> int:
+    from .formats import read_figures
+    from .pictures import picture
     figures = read_figures(read_input())
     if not 1 <= arguments.figure <= len(figures):
         raise ValueError("the text has no figure" if not figures else
@@ -239,6 +256,9 @@ def _picture(arguments: Arguments) -> int:
 
 
 def _page(arguments: Arguments) -> int:
+    from .formats import read_figures
+    from .page_texts import page, page_name, pages
+    from .runs import run
     data = read_input()
     try:
         result = run(arguments.job, data)

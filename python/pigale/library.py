@@ -14,6 +14,9 @@ def loaded(path: str) -> ctypes.CDLL:
     size = ctypes.c_size_t
     library.pigale_run.argtypes = [ctypes.c_char_p, size, ctypes.c_char_p, size, ctypes.c_void_p, size, ctypes.POINTER(size)]
     library.pigale_run.restype = ctypes.c_uint8
+    if hasattr(library, "pigale_cut"):
+        library.pigale_cut.argtypes = [ctypes.c_char_p, size, ctypes.c_uint8, ctypes.POINTER(size), ctypes.POINTER(size)]
+        library.pigale_cut.restype = ctypes.c_uint8
     return library
 
 
@@ -69,3 +72,17 @@ def answered(path: str, words: Sequence[str], data: bytes, capacity: Optional[in
         if length.value <= room:
             return status, text.raw[:length.value].decode("ascii")
         room = length.value
+
+
+def cut(path: str, data: bytes) -> Tuple[int, int]:
+    """Where the whole records end at the front of planar_code, and how many they are, by the library at a path."""
+    end, records = ctypes.c_size_t(), ctypes.c_size_t()
+    if loaded(path).pigale_cut(data, len(data), 0, ctypes.byref(end), ctypes.byref(records)):
+        raise MemoryError("there was not enough memory for the library")
+    return end.value, records.value
+
+
+def cutting_library() -> Optional[str]:
+    """The path of a library that cuts planar_code, or None."""
+    path = library()
+    return path if path and hasattr(loaded(path), "pigale_cut") else None

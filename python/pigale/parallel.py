@@ -1,37 +1,42 @@
-"""Answers inputs of any size, by as many programs side by side as there are processors.
+"""Answers inputs of any size, over all processors.
 
-An input is cut at its records (`parts`), and each part is a run of its own. The answers come in order, with the numbers
-that they have in the whole, and the last line has the sums: the text is the one that a single run would write if it read
-inputs of any size. Only a record that is larger by itself than an input may be ends it with `stop TooLong`.
+An input is cut at its records (`parts`), and each part is a run of its own: by processes that have the library (`workers`), or
+by programs where there is no library that answers parts. The answers come in order, with the numbers that they have in the
+whole, and the last line has the sums: the text is the one that a single run would write if it read inputs of any size. Only
+a record that is larger by itself than an input may be ends it with `stop TooLong`.
 """
 from __future__ import annotations
 
 import io
+import marshal
 import os
 import re
-import signal
-import subprocess
-import tempfile
-import threading
 import zlib
 from collections import deque
-from concurrent.futures import Future, ThreadPoolExecutor
-from contextlib import closing, suppress
-from typing import IO, Any, BinaryIO, Callable, Deque, Generator, Iterable, Iterator, Optional, Sequence, Set, Tuple, Union, cast
+from contextlib import closing, contextmanager
+from typing import TYPE_CHECKING, Any, BinaryIO, Callable, Deque, Generator, Iterable, Iterator, Optional, Sequence, Tuple, Union, cast
 
-from .formats import Answer, End, Stop, read_blocks
+from .formats import MOST_BYTES, Answer, End, Stop, read_blocks
 from .kinds import reading_hint
-from .logs import Log
 from .parts import Part, Read, Size, joined, parts_of, unpacked
-from .runs import HINTS, READING_JOBS, WHAT_WENT_WRONG, PigaleError, Records, Run, encoded, program, readable
+from .runs import HINTS, READING_JOBS, WHAT_WENT_WRONG, PigaleError, Records, Run, encoded, readable
 from .streams import INPUT_LOST, write_all
+from .workers import TRIES, Task, Workers, answering_library
+
+if TYPE_CHECKING:
+    from concurrent.futures import Future
+
+    from .logs import Log
+    from .programs import Programs, Written
+    from .tables import Tally
 
 NUMBERED = (b"figure ", b"count ", b"verdict ", b"refused ", b"<!-- refused ")
 LAST = re.compile(rb"(<!-- )?(?:end records (\d+) refused (\d+)|stop (\w+)(?: (\d+))?)( -->)?\n")
 LEAST_PART, MOST_PART, MOST_COUNTED = 1 << 14, 1 << 18, 1 << 20
-TRIES = 3  # of a part whose program is ended by a signal
+MOST_NUMBERED = (1 << 32) - MOST_BYTES  # records before a part that the library numbers
 
-Written = Tuple[int, "IO[bytes]"]
+Answering = Union[Task, "Future[Written]"]
+Runs = Deque[Tuple[Part, Answering]]
 
 
 class Progress:
@@ -65,6 +70,20 @@ def run_all(words: Sequence[str], source: BinaryIO, sink: BinaryIO, processes: O
     with closing(over.texts()) as texts:
         for text in texts:
             write_all(sink, text)
+            if tell:
+                tell(over.progress)
+    if tell:
+        tell(over.progress)
+    return over.status
+
+
+def tabled(job: str, source: BinaryIO, tally: Tally, processes: Optional[int] = None,
+           tell: Optional[Callable[[Progress], None]] = None) -> int:
+    """Takes a table of a job's answers to an input of any size into `tally`; returns the worst status of its runs, as `run_all`."""
+    over = _Over([job], processes, source, renumber=False, tally=tally)
+    with closing(over.texts()) as texts:
+        for text in texts:
+            tally.write(text)
             if tell:
                 tell(over.progress)
     if tell:
@@ -112,48 +131,36 @@ class _Source:
         return found
 
 
-class _Programs:
-    """The programs that run side by side, so that all of them can be ended."""
+def _pool(words: Sequence[str], count: int, tabled: bool) -> Union[Workers, Programs]:
+    """What answers parts side by side: processes that have the library, or programs."""
+    path = answering_library()
+    if path:
+        return Workers(path, words, count, tabled)
+    from .programs import Programs
+    return Programs(words, count)
 
-    def __init__(self, words: Sequence[str]) -> None:
-        self.words = words
-        self.lock = threading.Lock()
-        self.running: Set["subprocess.Popen[bytes]"] = set()
-        self.are_ended = False
 
-    def run(self, given: "IO[bytes]", out: "IO[bytes]") -> int:
-        """Runs the program from one file to another; returns its status, 128 and more where a signal ended it."""
-        with self.lock:
-            if self.are_ended:
-                return 128 + signal.SIGTERM
-            running = subprocess.Popen(self.words, stdin=given, stdout=out)
-            self.running.add(running)
-        status = running.wait()
-        with self.lock:
-            self.running.discard(running)
-        return status if status >= 0 else 128 - status
-
-    def end(self) -> None:
-        """Ends all programs, and lets none begin."""
-        with self.lock:
-            self.are_ended = True
-            for running in self.running:
-                with suppress(ProcessLookupError):  # where it has just ended, which Python 3.8 minds
-                    running.kill()
+@contextmanager
+def _ended(pool: Union[Workers, Programs]) -> Iterator[None]:
+    """Ends what answers parts side by side, whatever comes."""
+    try:
+        yield
+    finally:
+        pool.end()
 
 
 class _Over:
     """A run over all processors. `status` and `last_line` are known once its texts have come."""
 
     def __init__(self, words: Sequence[str], processes: Optional[int], given: Union[BinaryIO, Iterable[Any]], renumber: bool = True,
-                 log: Optional[Log] = None):
+                 log: Optional[Log] = None, tally: Optional[Tally] = None):
         job = next((word for word in words if word in READING_JOBS), None)
         if job is None:
             raise ValueError(f"no job that reads is among the words: {' '.join(words)}")
         self.job, self.renumber = job, renumber
-        self.programs = _Programs([program(), *words])
         self.count = processes or processors()
-        self.log = log
+        self.pool = _pool(words, self.count, tally is not None)
+        self.log, self.tally = log, tally
         self.noted: Optional[Tuple[Part, int, int, int]] = None
         self.progress = Progress()
         size = _size(job, log.count if log else self.count)
@@ -168,23 +175,18 @@ class _Over:
 
     def texts(self) -> Generator[bytes, None, None]:
         """Yields the text of each part, as it is in the whole, and last the last line."""
-        runs: Deque[Tuple[Part, "Future[Written]"]] = deque()
-        with ThreadPoolExecutor(self.count) as pool:
-            try:
-                for part in self.parts:
-                    if self._is_done(part):
-                        continue
-                    runs.append((part, pool.submit(self._answer, part)))
-                    if len(runs) > 3 * self.count:
-                        yield from self._answered(runs)
-                        if self.last_line or self.status > 1:
-                            break
-                while runs and not self.last_line and self.status < 2:
+        runs: Runs = deque()
+        with _ended(self.pool):
+            for part in self.parts:
+                if self._is_done(part):
+                    continue
+                runs.append((part, self._given(part)))
+                while not self.pool.has_room() and not self._is_over():
                     yield from self._answered(runs)
-            finally:
-                for _, run in runs:
-                    run.cancel()
-                self.programs.end()
+                if self._is_over():
+                    break
+            while runs and not self._is_over():
+                yield from self._answered(runs)
         if self.last_line:
             yield self.last_line
         elif self.status < 2 and self.source and self.source.fault:
@@ -194,18 +196,9 @@ class _Over:
             self._end(b"end records %d refused %d" % (self.progress.answered, self.refused))
             yield self.last_line
 
-    def _answer(self, part: Part) -> Written:
-        """Runs the program on a part, and again where a signal ended it; returns its status, and the file of its text."""
-        with tempfile.TemporaryFile() as given:
-            write_all(given, part.data)
-            for tries_left in reversed(range(TRIES)):
-                out = tempfile.TemporaryFile()
-                given.seek(0)
-                status = self.programs.run(given, out)
-                if status <= 128 or not tries_left:
-                    break
-                out.close()
-        return status, out
+    def _is_over(self) -> bool:
+        """Whether nothing more is answered."""
+        return bool(self.last_line) or self.status > 1
 
     def _is_done(self, part: Part) -> bool:
         """Whether a part was done by an earlier run, as the log has it; what it has is then taken into the sums."""
@@ -217,43 +210,66 @@ class _Over:
         self.status = max(self.status, done.status)
         return True
 
-    def _answered(self, runs: Deque[Tuple[Part, "Future[Written]"]]) -> Iterator[bytes]:
+    def _answered(self, runs: Runs) -> Iterator[bytes]:
         """Yields the text of the first of some runs, and notes its part once more is asked for, so once it is written."""
         self.noted = None
         yield self._first_text(runs)
         if self.log and self.noted:
             self.log.note(*self.noted)
 
-    def _first_text(self, runs: Deque[Tuple[Part, "Future[Written]"]]) -> bytes:
+    def _given(self, part: Part) -> Answering:
+        """What comes of a part: a task of the processes that have the library, or a program's run."""
+        if isinstance(self.pool, Workers):
+            return self.pool.give(part.data, part.first if self._is_numbered(part) else 0)
+        return self.pool.give(part.data)
+
+    def _is_numbered(self, part: Part) -> bool:
+        """Whether the library numbers the answers to a part, which it does with numbers of 32 bits."""
+        return self.renumber and part.first < MOST_NUMBERED
+
+    def _first_text(self, runs: Runs) -> bytes:
         """The text of the first of some runs, without its last line, which is taken into the sums."""
         part, run = runs.popleft()
-        status, out = run.result()
-        with out:
-            out.seek(0)
-            text = out.read()
-        at = text.rfind(b"\n", 0, -1) + 1
+        status, text, sums = self._wait(run)
+        by = part.first if self.renumber and not (isinstance(run, Task) and self._is_numbered(part)) else 0
+        at = len(text) if sums else text.rfind(b"\n", 0, -1) + 1
         last = LAST.fullmatch(text, at)
-        if last is None:
-            return self._broken_text(part, status, text)
+        if last and last[2]:
+            sums = int(last[2]), int(last[3])
+        elif not last and not sums:
+            return self._broken_text(part, status, text, by)
         self.progress.answered = part.first + part.records
-        self.frame = last[1] or b"", last[6] or b""
-        if last[2]:
-            if int(last[2]) != part.records:
-                raise AssertionError(f"a part of {part.records} records was read as one of {int(last[2])}")
-            self.refused += int(last[3])
+        if last:
+            self.frame = last[1] or b"", last[6] or b""
+        # of what could not be read to its end the ending says nothing
+        is_told = bool(runs) or not (self.source and self.source.fault)
+        text = _renumbered(text[:at], by)
+        if sums:
+            if sums[0] != part.records:
+                raise AssertionError(f"a part of {part.records} records was read as one of {sums[0]}")
+            self.refused += sums[1]
             self.status = max(self.status, status)
-        elif runs or not (self.source and self.source.fault):
-            # of what could not be read to its end the ending says nothing
+            self.noted = (part, sums[1], status, len(text)) if is_told else None
+        elif last and is_told:
             self.status = status
             self._end(_stop_line(part, last[4], last[5], runs[0][0] if runs else None))
             self._explain(last[4])
-        text = _renumbered(text[:at], part.first if self.renumber else 0)
-        if last[2] and (runs or not (self.source and self.source.fault)):
-            self.noted = part, int(last[3]), status, len(text)
         return text
 
-    def _broken_text(self, part: Part, status: int, text: bytes) -> bytes:
-        """What is taken of the text of a run without its last line; sets the status and says what happened.
+    def _wait(self, run: Answering) -> Tuple[int, bytes, Optional[Tuple[int, int]]]:
+        """Waits for the answers to a part; returns the status and the text, and the sums where they stand in no last line."""
+        if not isinstance(run, Task):
+            return (*cast("Programs", self.pool).wait(run), None)
+        status = cast(Workers, self.pool).wait(run)
+        text = b"stop BadWords\n" if status == 2 else bytes(run.text)
+        run.drop()
+        if self.tally and status < 2:
+            self.tally.add(marshal.loads(text))
+            text = b""
+        return status, text, (run.records, run.refused) if status < 2 else None
+
+    def _broken_text(self, part: Part, status: int, text: bytes, by: int) -> bytes:
+        """What is taken of the text of a run without its last line, with numbers raised; sets the status and says what happened.
 
         Where a signal ended the program three times, that is nothing: its text may end anywhere.
         """
@@ -267,7 +283,7 @@ class _Over:
             return b""
         cause = HINTS.get(status, f"the program ended with status {status} and without its last line")
         self.progress.trouble = f"{cause}, on {where}; what was written is the beginning of the answers"
-        return _renumbered(text, part.first if self.renumber else 0)
+        return _renumbered(text, by)
 
     def _explain(self, ending: bytes) -> None:
         """Says what the job reads, and what the input is if that is something else, where it ended badly."""

@@ -17,6 +17,7 @@ from dataclasses import dataclass, field
 from typing import Any, BinaryIO, Callable, Iterable, Iterator, List, Literal, NamedTuple, Optional, Tuple
 
 from .formats import HEADER, MOST_BYTES, MOST_VERTICES, PLANAR_JOBS
+from .library import cut, cutting_library
 
 GRAPH_HEADER = b">>graph6<<"
 PLANAR_HEADER = re.compile(rb">>planar_code *(le|be)? *<<")
@@ -164,6 +165,7 @@ class _Records:
     def __init__(self) -> None:
         self.order: Order = "big"
         self.is_uniform = True
+        self.library = cutting_library()
 
     def plain(self, record: bytes) -> bytes:
         """Returns a record, or the first bytes of one, with the greater byte of each wide number first."""
@@ -197,6 +199,11 @@ class _Records:
                 at = kept = header.end()
                 self.order = "little" if header[1] == b"le" else "big"
                 continue
+            if self.library and self.order == "big" and count != HEADER[0] and data.find(HEADER[:-2], at, limit) < 0:
+                length, number = cut(self.library, data[at:limit])
+                if number:
+                    at, records = at + length, records + number
+                    continue
             if count and count != HEADER[0] and self.is_uniform and limit - at > 4096:
                 length, number = _uniform_records(data[at:limit], count)
                 if number:

@@ -1,14 +1,10 @@
 """Tables of what a run answers: how many records have the same counts, are drawn or judged alike, or break the same condition."""
-import re
 from collections import Counter
-from typing import Dict, List, Tuple
+from typing import Dict, List, Mapping, Tuple
 
 from .formats import GRID_JOBS
+from .worker import tallied
 
-COUNTED = re.compile(rb"^count \d+ (.*)$", re.MULTILINE)
-FIGURE = re.compile(rb"^figure \d+ (?:witness )?(\w+)", re.MULTILINE)
-VERDICT = re.compile(rb"^verdict \d+ (\w+)", re.MULTILINE)
-REFUSED = re.compile(rb"^refused \d+ \d+ (\w+)", re.MULTILINE)
 GOOD = ("drawn", "planar", "yes")
 
 
@@ -24,17 +20,20 @@ class Tally:
 
     def write(self, data: bytes) -> int:
         """Takes some lines, and returns how many bytes they have."""
-        if self.job == "count":
-            self.counts.update(COUNTED.findall(data))
-        for word, pattern, names in ((b"figure ", FIGURE, self.answers), (b"verdict ", VERDICT, self.answers),
-                                     (b"refused ", REFUSED, self.refusals)):
-            if word in data:
-                for name, count in Counter(pattern.findall(data)).items():
-                    names[self._named(name.decode("ascii"))] += count
+        self.add(tallied(data))
         last = data[data.rfind(b"\n", 0, -1) + 1:].decode("ascii").rstrip("\n")
         if last.startswith(("end ", "stop ")):
             self.last = last
         return len(data)
+
+    def add(self, table: Mapping[bytes, Mapping[bytes, int]]) -> None:
+        """Takes a table of some lines, as `worker.tallied` has it."""
+        for sayings in (table.get(b"count", {}),) if self.job == "count" else ():
+            for saying, records in sayings.items():
+                self.counts[saying] += records
+        for word, names in ((b"figure", self.answers), (b"verdict", self.answers), (b"refused", self.refusals)):
+            for saying, records in table.get(word, {}).items():
+                names[self._named(saying.decode("ascii"))] += records
 
     def _named(self, word: str) -> str:
         """What a word says of a record: the name of a job in a figure that it is drawn, or planar, and others themselves."""

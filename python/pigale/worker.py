@@ -1,0 +1,107 @@
+"""A process that answers parts of an input by the library, for `parallel`. It is started as a script, and imports little.
+
+Its words are the library's path, the words of the job, `text` or `table`, and the numbers of files that it shares with the
+process that started it. In each of these stands a part, and then the answers to it, or a table of these. Standard input says
+which part is due, and standard output how it went. It ends with its standard input.
+"""
+import ctypes
+import marshal
+import mmap
+import os
+import signal
+import struct
+import sys
+
+TASK = struct.Struct("=BQI")  # the number of the file, the length of the part, and how many records stand before it
+DONE = struct.Struct("=BQII")  # the status, the length of the text, and how many records were answered and were refused
+PAGE = 1 << 16  # the text begins at the next multiple of it behind the part
+ROOM, LEAST = 64, 4096  # bytes of text for each byte of a part, and of any, at first: a file has no pages where nothing is written
+# what a line says of its record, but for its number: its counts, what was made of it, the verdict, and the refusal
+SAYINGS = {b"count": rb"(.*)$", b"figure": rb"(?:witness )?(\w+)", b"verdict": rb"(\w+)", b"refused": rb"\d+ (\w+)"}
+
+
+def tallied(text):
+    """How many lines of a text say the same of their records: for each first word what is said, and how often."""
+    import re
+    found = {}
+    for name, saying in SAYINGS.items():
+        for said in re.findall(rb"^%s \d+ %s" % (name, saying), text, re.MULTILINE):
+            some = found.setdefault(name, {})
+            some[said] = some.get(said, 0) + 1
+    return found
+
+
+def text_at(length: int) -> int:
+    """Where the text stands in a file, behind a part of so many bytes."""
+    return -(-length // PAGE) * PAGE
+
+
+def room_for(length: int) -> int:
+    """The bytes of a file in which a part of so many bytes stands, and its text."""
+    return text_at(length) + ROOM * length + LEAST
+
+
+class _File:
+    """A file that is shared, as memory."""
+
+    def __init__(self, number: int) -> None:
+        self.number, self.size, self.address = number, 0, 0
+
+    def map(self) -> None:
+        """Takes all of the file into memory, where it has grown."""
+        size = os.fstat(self.number).st_size
+        if size != self.size:
+            self.memory = mmap.mmap(self.number, size)
+            self.size, self.address = size, ctypes.addressof(ctypes.c_char.from_buffer(self.memory))
+
+
+class _Sums(ctypes.Structure):
+    """What was counted in a part."""
+    _fields_ = [("records", ctypes.c_uint32), ("refused", ctypes.c_uint32)]
+
+
+def answer(call, words, file, length, before):
+    """Answers the part in a file, and writes the text behind it; returns the status, the length of the text, and the sums."""
+    written, sums, at = ctypes.c_size_t(), _Sums(), text_at(length)
+    while True:
+        file.map()
+        status = call(words, len(words), file.address, length, before, 0, 0, 1, file.address + at, file.size - at,
+                      ctypes.byref(written), ctypes.byref(sums))
+        if written.value <= file.size - at:
+            return status, written.value, sums.records, sums.refused
+        os.ftruncate(file.number, at + written.value)
+
+
+def put_table(file, length, written):
+    """Writes a table of the answers to a part in their place; returns its length."""
+    at = text_at(length)
+    table = marshal.dumps(tallied(memoryview(file.memory)[at:at + written]))
+    if at + len(table) > file.size:
+        os.ftruncate(file.number, at + len(table))
+        file.map()
+    file.memory[at:at + len(table)] = table
+    return len(table)
+
+
+def main(path, job, form, *numbers):
+    signal.signal(signal.SIGINT, signal.SIG_DFL)
+    call = ctypes.CDLL(path).pigale_run_part
+    size, address = ctypes.c_size_t, ctypes.c_void_p
+    call.argtypes = [ctypes.c_char_p, size, address, size, ctypes.c_uint32, ctypes.c_uint32, size, ctypes.c_uint8, address, size,
+                     address, address]
+    call.restype = ctypes.c_uint8
+    files = [_File(int(number)) for number in numbers]
+    tasks, done = sys.stdin.buffer.raw, sys.stdout.buffer.raw
+    while True:
+        task = tasks.read(TASK.size)
+        if len(task) < TASK.size:
+            return
+        which, length, before = TASK.unpack(task)
+        status, written, *sums = answer(call, job.encode("ascii"), files[which], length, before)
+        if form == "table" and status < 2:
+            written = put_table(files[which], length, written)
+        done.write(DONE.pack(status, written, *sums))
+
+
+if __name__ == "__main__":
+    main(*sys.argv[1:])
