@@ -9,7 +9,7 @@ import time
 from typing import TYPE_CHECKING, BinaryIO, Callable, List, Optional, Sequence, cast
 
 from . import __version__
-from .runs import HINTS, READING_JOBS, PigaleError
+from .basics import HINTS, READING_JOBS, PigaleError
 from .streams import (Ended, InputFault, OutputFault, cut_output, end_by, forget_output, put, read_input, require_output, signals_end,
                       standard_input)
 
@@ -110,7 +110,7 @@ def _parser(words: Sequence[str]) -> argparse.ArgumentParser:
     whole = add("all", _all, "runs a job on an input of any size, also of gzip or of files that were joined, over all processors")
     whole.add_argument("job", metavar="JOB", choices=READING_JOBS, help=f"as of the program: {', '.join(READING_JOBS)}")
     whole.add_argument("--form", choices=("text", "svg"), help="of figures, as of the program")
-    whole.add_argument("-j", metavar="N", type=_positive, help="as many programs side by side; by default as there are processors")
+    whole.add_argument("-j", metavar="N", type=_positive, help="as many processes side by side; by default as there are processors")
     whole.add_argument("--log", metavar="LOG", help="note in this file which parts of the input are done")
     whole.add_argument("--resume", action="store_true", help="go on behind what the log has; standard output is the file of the run, "
                        "appended to by >>")

@@ -4,14 +4,8 @@ from collections.abc import Sequence as SequenceType
 from dataclasses import asdict, dataclass
 from typing import IO, Any, Dict, Iterable, List, Literal, Optional, Sequence, Tuple, Union, cast
 
+from .basics import GRID_JOBS, HEADER, MOST_BYTES, MOST_VERTICES, PLANAR_JOBS  # which are offered here too
 from .kinds import looks_like
-
-HEADER = b">>planar_code<<"
-MOST_BYTES = 1 << 24  # of an input that the program reads
-MOST_VERTICES = 4095  # of a map that the program reads
-
-PLANAR_JOBS = ("count", "shift", "schnyder", "bars", "convex", "rect")
-GRID_JOBS = ("shift", "schnyder", "convex")
 
 Lists = List[List[int]]
 AnyMap = Sequence[Sequence[int]]

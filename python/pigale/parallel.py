@@ -16,18 +16,18 @@ from collections import deque
 from contextlib import closing, contextmanager
 from typing import TYPE_CHECKING, Any, BinaryIO, Callable, Deque, Generator, Iterable, Iterator, Optional, Sequence, Tuple, Union, cast
 
-from .formats import MOST_BYTES, Answer, End, Stop, read_blocks
-from .kinds import reading_hint
+from .basics import HINTS, MOST_BYTES, READING_JOBS, WHAT_WENT_WRONG, PigaleError
 from .parts import Part, Read, Size, joined, parts_of, unpacked
-from .runs import HINTS, READING_JOBS, WHAT_WENT_WRONG, PigaleError, Records, Run, encoded, readable
 from .streams import INPUT_LOST, write_all
 from .workers import TRIES, Task, Workers, answering_library
 
 if TYPE_CHECKING:
     from concurrent.futures import Future
 
+    from .formats import Answer
     from .logs import Log
     from .programs import Programs, Written
+    from .runs import Records
     from .tables import Tally
 
 NUMBERED = (b"figure ", b"count ", b"verdict ", b"refused ", b"<!-- refused ")
@@ -98,6 +98,8 @@ def stream(job: str, records: Union[Records, BinaryIO], processes: Optional[int]
     are due: memory does not grow with the number of records. Raises ValueError where the job reads nothing, and
     PigaleError as `run` does, behind the answers before that; its `run` has then the last line alone.
     """
+    from .formats import End, Stop, read_blocks
+    from .runs import Run, encoded, readable
     if isinstance(records, (bytes, str)):
         records = io.BytesIO(encoded(job, records))
     over = _Over([job], processes, records)
@@ -169,6 +171,7 @@ class _Over:
             self.source = _Source(cast(BinaryIO, given), self.progress)
             self.parts = parts_of(job, self.source.read, size)
         else:
+            from .runs import encoded
             self.parts = joined(job, (encoded(job, [record], k, False) for k, record in enumerate(given, 1)), size)
         self.status = self.refused = 0
         self.last_line, self.frame = b"", (b"<!-- ", b" -->") if "svg" in words else (b"", b"")
@@ -287,6 +290,7 @@ class _Over:
 
     def _explain(self, ending: bytes) -> None:
         """Says what the job reads, and what the input is if that is something else, where it ended badly."""
+        from .kinds import reading_hint
         reads, found = reading_hint(self.job, self.source.head if self.source else b"\0")
         if ending == b"TooLong":
             self.progress.trouble = f"a record by itself has more than 16 MiB, which the program does not read; {reads}"

@@ -10,13 +10,11 @@ that they name, line ends, empty lines, and a last line that is not closed.
 from __future__ import annotations
 
 import functools
-import gzip
 import re
 from bisect import bisect_right
-from dataclasses import dataclass, field
-from typing import Any, BinaryIO, Callable, Iterable, Iterator, List, Literal, NamedTuple, Optional, Tuple
+from typing import Any, BinaryIO, Callable, Iterable, Iterator, List, Literal, NamedTuple, Optional, Sequence, Tuple
 
-from .formats import HEADER, MOST_BYTES, MOST_VERTICES, PLANAR_JOBS
+from .basics import HEADER, MOST_BYTES, MOST_VERTICES, PLANAR_JOBS
 from .library import cut, cutting_library
 
 GRAPH_HEADER = b">>graph6<<"
@@ -29,7 +27,6 @@ Size = Callable[[], int]
 Order = Literal["big", "little"]  # of the bytes of a wide number: which of them is first
 
 
-@dataclass
 class Part:
     """A part of an input, as the program is to read it.
 
@@ -38,12 +35,10 @@ class Part:
     lines of figures. `left_out` has an entry for each byte of a header of planar_code, and for each empty line of
     figures, that was left out of `data`: where it stood, in rising order.
     """
-    data: bytes
-    records: int
-    first: int
-    place: int
-    byte: int
-    left_out: List[int] = field(default_factory=list)
+    __slots__ = ("data", "records", "first", "place", "byte", "left_out")
+
+    def __init__(self, data: bytes, records: int, first: int, place: int, byte: int, left_out: Sequence[int] = ()) -> None:
+        self.data, self.records, self.first, self.place, self.byte, self.left_out = data, records, first, place, byte, left_out
 
     def place_of(self, number: int) -> int:
         """Where in the whole input a bad place is that the program names by `number` in this part."""
@@ -104,6 +99,7 @@ def unpacked(source: BinaryIO) -> Read:
 
     if head != b"\x1f\x8b\x08":
         return read
+    import gzip
     packed: Any = _File(read)
     return gzip.GzipFile(fileobj=packed).read
 

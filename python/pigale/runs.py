@@ -3,37 +3,16 @@ import os
 from dataclasses import dataclass
 from typing import Any, Iterable, Iterator, List, Optional, Sequence, Tuple, Union, cast
 
+from .basics import HINTS, READING_JOBS, WHAT_WENT_WRONG, PigaleError
 from .formats import (FIGURES, MOST_BYTES, MOST_VERTICES, PLANAR_JOBS, Answer, Block, Count, End, Figure, Graph, GridFigure,
                       AnyMap, Refused, Stop, WitnessFigure, as_maps, check_line, read_blocks, write_graph6, write_planar_code)
 from .graphs import graph_of
 from .library import answered, library
 
-READING_JOBS = (*PLANAR_JOBS, "embed", "verify")
 MOST_EMBEDDED = 255  # vertices of a graph that `embed` reads
 EDGE_FAULTS = {20, 21, 22}  # statuses of the library for an end that is no vertex, a loop, and an edge that is there twice
 
 Records = Union[str, bytes, Iterable[AnyMap], Iterable[Union[str, Graph]], Iterable[Figure]]
-
-
-class PigaleError(Exception):
-    """The program ended with a status above 1. `run` is what it wrote until then, as a `Run`; `trouble` says why, if known."""
-
-    def __init__(self, run: "Run", trouble: str = "") -> None:
-        self.run = run
-        last = str(run.blocks[-1]) if run.blocks else "nothing written"
-        killed = f"signal {run.status - 128} ended the program" if run.status > 128 else ""
-        hint = trouble or HINTS.get(run.status, killed)
-        super().__init__(f"pigale {run.job} ended with status {run.status} ({last}){hint and ': ' + hint}")
-
-
-WHAT_WENT_WRONG = 'docs/FORMATS.md, "What went wrong?"'
-HINTS = {
-    2: "the job or an option is none of the program's",
-    3: f"the input has a bad place ({WHAT_WENT_WRONG})",
-    4: "a read failed",
-    5: "a write failed",
-    6: "there was not enough memory",
-}
 
 
 @dataclass
@@ -100,7 +79,7 @@ def run(job: str, records: Records = (), size: Optional[int] = None, number: Opt
     edges) or lines of graph6 for `embed`; figures for `verify`; nothing for `gen`, which wants `size` from 3 to 4095
     and `number` from 0 to 4294967295. Bytes and text are handed on as they are.
 
-    An input of more than 16 MiB is answered by as many programs side by side as there are processors, and any input by so
+    An input of more than 16 MiB is answered by as many processes side by side as there are processors, and any input by so
     many as `processes` says; the answers are those of one run. `stream` gives them one by one.
 
     Raises PigaleError where the status is 2 or more: bad words, a bad place in the input, a fault, out of memory.

@@ -9,7 +9,7 @@ from typing import List, Optional, Sequence
 
 from .formats import MOST_BYTES
 from .kinds import ending_kind, kind_of, looks_like, reading_hint
-from .runs import HINTS, READING_JOBS, WHAT_WENT_WRONG
+from .basics import HINTS, READING_JOBS, WHAT_WENT_WRONG
 from .streams import INPUT_LOST, OUTPUT_LOST
 
 JOBS = (*READING_JOBS, "gen")

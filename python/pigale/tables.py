@@ -2,7 +2,7 @@
 from collections import Counter
 from typing import Dict, List, Mapping, Tuple
 
-from .formats import GRID_JOBS
+from .basics import GRID_JOBS
 from .worker import tallied
 
 GOOD = ("drawn", "planar", "yes")

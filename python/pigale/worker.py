@@ -17,17 +17,17 @@ DONE = struct.Struct("=BQII")  # the status, the length of the text, and how man
 PAGE = 1 << 16  # the text begins at the next multiple of it behind the part
 ROOM, LEAST = 64, 4096  # bytes of text for each byte of a part, and of any, at first: a file has no pages where nothing is written
 # what a line says of its record, but for its number: its counts, what was made of it, the verdict, and the refusal
-SAYINGS = {b"count": rb"(.*)$", b"figure": rb"(?:witness )?(\w+)", b"verdict": rb"(\w+)", b"refused": rb"\d+ (\w+)"}
+SAYINGS = {b"count": rb"(.*)", b"figure": rb"(?:witness )?(\w+)", b"verdict": rb"(\w+)", b"refused": rb"\d+ (\w+)"}
 
 
 def tallied(text):
     """How many lines of a text say the same of their records: for each first word what is said, and how often."""
+    import collections
     import re
-    found = {}
+    text, found = b"\n%b" % text, {}
     for name, saying in SAYINGS.items():
-        for said in re.findall(rb"^%s \d+ %s" % (name, saying), text, re.MULTILINE):
-            some = found.setdefault(name, {})
-            some[said] = some.get(said, 0) + 1
+        if b"\n%b " % name in text:
+            found[name] = dict(collections.Counter(re.findall(rb"\n%b \d+ %b" % (name, saying), text)))
     return found
 
 
