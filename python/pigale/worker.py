@@ -4,13 +4,18 @@ Its words are the library's path, the words of the job, `text` or `table`, and t
 process that started it. In each of these stands a part, and then the answers to it, or a table of these. Standard input says
 which part is due, and standard output how it went. It ends with its standard input.
 """
+from __future__ import annotations
+
 import ctypes
 import marshal
 import mmap
 import os
-import signal
 import struct
 import sys
+
+TYPE_CHECKING = False
+if TYPE_CHECKING:
+    from typing import Any, Dict, Tuple, Union
 
 TASK = struct.Struct("=BQI")  # the number of the file, the length of the part, and how many records stand before it
 DONE = struct.Struct("=BQII")  # the status, the length of the text, and how many records were answered and were refused
@@ -20,14 +25,15 @@ ROOM, LEAST = 64, 4096  # bytes of text for each byte of a part, and of any, at 
 SAYINGS = {b"count": rb"(.*)", b"figure": rb"(?:witness )?(\w+)", b"verdict": rb"(\w+)", b"refused": rb"\d+ (\w+)"}
 
 
-def tallied(text):
+def tallied(text: Union[bytes, memoryview]) -> Dict[bytes, Dict[bytes, int]]:
     """How many lines of a text say the same of their records: for each first word what is said, and how often."""
     import collections
     import re
-    text, found = b"\n%b" % text, {}
+    lines = b"\n%b" % text
+    found: Dict[bytes, Dict[bytes, int]] = {}
     for name, saying in SAYINGS.items():
-        if b"\n%b " % name in text:
-            found[name] = dict(collections.Counter(re.findall(rb"\n%b \d+ %b" % (name, saying), text)))
+        if b"\n%b " % name in lines:
+            found[name] = dict(collections.Counter(re.findall(rb"\n%b \d+ %b" % (name, saying), lines)))
     return found
 
 
@@ -46,9 +52,10 @@ class _File:
 
     def __init__(self, number: int) -> None:
         self.number, self.size, self.address = number, 0, 0
+        self.memory: Any = None
 
     def map(self) -> None:
-        """Takes all of the file into memory, where it has grown."""
+        """Takes all of the file into memory, where it was not or has grown."""
         size = os.fstat(self.number).st_size
         if size != self.size:
             self.memory = mmap.mmap(self.number, size)
@@ -60,7 +67,7 @@ class _Sums(ctypes.Structure):
     _fields_ = [("records", ctypes.c_uint32), ("refused", ctypes.c_uint32)]
 
 
-def answer(call, words, file, length, before):
+def answer(call: Any, words: bytes, file: _File, length: int, before: int) -> Tuple[int, int, int, int]:
     """Answers the part in a file, and writes the text behind it; returns the status, the length of the text, and the sums."""
     written, sums, at = ctypes.c_size_t(), _Sums(), text_at(length)
     while True:
@@ -72,7 +79,7 @@ def answer(call, words, file, length, before):
         os.ftruncate(file.number, at + written.value)
 
 
-def put_table(file, length, written):
+def put_table(file: _File, length: int, written: int) -> int:
     """Writes a table of the answers to a part in their place; returns its length."""
     at = text_at(length)
     table = marshal.dumps(tallied(memoryview(file.memory)[at:at + written]))
@@ -83,15 +90,15 @@ def put_table(file, length, written):
     return len(table)
 
 
-def main(path, job, form, *numbers):
-    signal.signal(signal.SIGINT, signal.SIG_DFL)
+def main(path: str, job: str, form: str, *numbers: str) -> None:
+    """Answers parts until standard input ends."""
     call = ctypes.CDLL(path).pigale_run_part
     size, address = ctypes.c_size_t, ctypes.c_void_p
     call.argtypes = [ctypes.c_char_p, size, address, size, ctypes.c_uint32, ctypes.c_uint32, size, ctypes.c_uint8, address, size,
                      address, address]
     call.restype = ctypes.c_uint8
     files = [_File(int(number)) for number in numbers]
-    tasks, done = sys.stdin.buffer.raw, sys.stdout.buffer.raw
+    tasks, done = open(0, "rb", 0), open(1, "wb", 0)
     while True:
         task = tasks.read(TASK.size)
         if len(task) < TASK.size:
@@ -100,7 +107,10 @@ def main(path, job, form, *numbers):
         status, written, *sums = answer(call, job.encode("ascii"), files[which], length, before)
         if form == "table" and status < 2:
             written = put_table(files[which], length, written)
-        done.write(DONE.pack(status, written, *sums))
+        try:
+            done.write(DONE.pack(status, written, *sums))
+        except BrokenPipeError:
+            return  # whoever asked has ended
 
 
 if __name__ == "__main__":

@@ -91,8 +91,9 @@ class _Process:
 
     def start(self) -> None:
         numbers = [file.file.fileno() for file in self.files]
+        # in a session of its own, so that what is typed at a terminal ends this process alone, which then ends that one
         self.running = subprocess.Popen([sys.executable, "-I", "-S", worker.__file__, *self.words, *map(str, numbers)], bufsize=0,
-                                        stdin=subprocess.PIPE, stdout=subprocess.PIPE, pass_fds=numbers)
+                                        stdin=subprocess.PIPE, stdout=subprocess.PIPE, pass_fds=numbers, start_new_session=True)
 
     def send(self, task: Task) -> None:
         with suppress(OSError):  # of one that has just ended is heard when its answer is due
