@@ -20,7 +20,7 @@ if TYPE_CHECKING:
 TASK = struct.Struct("=BQI")  # the number of the file, the length of the part, and how many records stand before it
 DONE = struct.Struct("=BQII")  # the status, the length of the text, and how many records were answered and were refused
 PAGE = 1 << 16  # the text begins at the next multiple of it behind the part
-ROOM, LEAST = 64, 4096  # bytes of text for each byte of a part, and of any, at first: a file has no pages where nothing is written
+ROOM, LEAST = 8, 4096  # bytes of text for each byte of a part, and of any, at first; a file grows where that does not do
 # what a line says of its record, but for its number: its counts, what was made of it, the verdict, and the refusal
 SAYINGS = {b"count": rb"(.*)", b"figure": rb"(?:witness )?(\w+)", b"verdict": rb"(\w+)", b"refused": rb"\d+ (\w+)"}
 
