@@ -82,7 +82,10 @@ def cut(path: str, data: bytes) -> Tuple[int, int]:
     return end.value, records.value
 
 
-def cutting_library() -> Optional[str]:
-    """The path of a library that cuts planar_code, or None."""
+def library_with(name: str) -> Optional[str]:
+    """The path of a library that has a call of this name, or None where there is none, or none that can be loaded."""
     path = library()
-    return path if path and hasattr(loaded(path), "pigale_cut") else None
+    try:
+        return path if path and hasattr(loaded(path), name) else None
+    except OSError:
+        return None

@@ -15,7 +15,7 @@ from bisect import bisect_right
 from typing import Any, BinaryIO, Callable, Iterable, Iterator, List, Literal, NamedTuple, Optional, Sequence, Tuple
 
 from .basics import HEADER, MOST_BYTES, MOST_VERTICES, PLANAR_JOBS
-from .library import cut, cutting_library
+from .library import cut, library_with
 
 GRAPH_HEADER = b">>graph6<<"
 PLANAR_HEADER = re.compile(rb">>planar_code *(le|be)? *<<")
@@ -161,7 +161,7 @@ class _Records:
     def __init__(self) -> None:
         self.order: Order = "big"
         self.is_uniform = True
-        self.library = cutting_library()
+        self.library = library_with("pigale_cut")
 
     def plain(self, record: bytes) -> bytes:
         """Returns a record, or the first bytes of one, with the greater byte of each wide number first."""

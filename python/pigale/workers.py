@@ -15,7 +15,7 @@ from contextlib import suppress
 from typing import Any, Deque, List, Optional, Sequence
 
 from . import worker
-from .library import library, loaded
+from .library import library_with
 
 FILES = 3  # of each process, so that parts are there when it has answered one
 TRIES = 3  # of a part whose process is ended by a signal
@@ -23,8 +23,7 @@ TRIES = 3  # of a part whose process is ended by a signal
 
 def answering_library() -> Optional[str]:
     """The path of a library that answers parts of an input, or None where programs are to be run."""
-    path = library() if os.name == "posix" else None
-    return path if path and hasattr(loaded(path), "pigale_run_part") else None
+    return library_with("pigale_run_part") if os.name == "posix" else None
 
 
 class Task:
