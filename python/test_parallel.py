@@ -517,9 +517,11 @@ class ByLibrary(Parts):
         """Those that are killed in the middle lose nothing, and nothing comes twice."""
         for job, data in (("shift", planar_code()[0]), ("count", planar_code()[2]), ("bars", planar_code()[3])):
             self.assertEqual(self.killed(job, data, 2), (*one_run([job], data), ""))
+        # an answer that is there before the signal comes is taken
         status, text, trouble = self.killed("shift", planar_code()[0], 1000)
-        self.assertEqual((status, text), (137, b""))
-        self.assertIn("ended by signal 9, 3 times, on the part that begins with record 1 at byte 0", trouble)
+        whole = one_run(["shift"], planar_code()[0])[1]
+        self.assertEqual((status, text, text == whole), (137, whole[:len(text)], False))
+        self.assertRegex(trouble, r"ended by signal 9, 3 times, on the part that begins with record \d+ at byte \d+;")
 
     def test_tables(self):
         """A table is the same by the library, by programs and of the text of one run."""
