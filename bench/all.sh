@@ -1,8 +1,8 @@
 #!/bin/sh
-# all.sh   the counts of instructions of bench/README.md, by valgrind, in one run; wants a C compiler too
+# all.sh   the counts of bench/README.md, by valgrind, in one run; wants a C compiler too
 cd "$(dirname "$0")" || exit 1
 date -u +"%d %B %Y"
-for step in "slopes.py --limits" "streams.py" "slopes.py" "count.py" "figures.py" "figures.py --memory"; do
+for step in "slopes.py --limits" "streams.py" "streams.py memory" "slopes.py" "count.py" "figures.py" "figures.py --memory"; do
     echo
     echo "## $step"
     echo
