@@ -115,7 +115,7 @@ def test_scripts():
     counts = {word: int(count) for word, count in re.findall(r"^# (tests|fail|skipped) (\d+)$", ran.stdout, re.M)}
     for line in re.findall(r"^not ok \d+ - (.*)", ran.stdout, re.M):
         print(f"web: a test of web/tests fails: {line}")
-    failed = counts.get("fail", 1) or (ran.returncode != 0)
+    failed = counts.get("fail", 1) or int(ran.returncode != 0)
     skipped = counts.get("skipped", 0)
     left = f", {skipped} skipped, since the module lacks their calls" if skipped else ""
     print(f"web: web/tests: {counts.get('tests', 0)} tests in node, {failed} fail{left}")
