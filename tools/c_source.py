@@ -79,7 +79,8 @@ def wrapper(call, of_structs):
             use = "READ" if it.is_const else "FILLED" if is_filled else "WRITTEN"
             lent.append(f"{{(void *){it.name}, {count}, {per}, sizeof({unit}), {WIDTHS[unit]}, {use}, 0}}")
             given.append(f"all[{len(lent) - 1}].at")
-            if it.type == "size_t" and not it.count and not it.is_const:
+            if it.type == "size_t" and not it.count and not it.is_const and it.name.endswith("_length"):
+                # what was written tells how much of its array is; no other number is touched where a call says no
                 lines.append(f"    *{it.name} = 0;\n")
         else:
             given.append(f"(u64){it.name}" if it.type == "size_t" else f"(u32){it.name}")
