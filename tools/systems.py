@@ -104,7 +104,8 @@ def windows(built, to):
         with open(f"{lib}/pigale.def", "w", encoding="utf-8") as file:
             file.write("LIBRARY pigale.dll\nEXPORTS\n" + "".join(f"    {name}\n" for name in calls.names()))
         how = ["-Wl,--gc-sections", "-Wl,--no-insert-timestamp", "-static-libgcc", "-s"]
-        call(f"{MINGW}-gcc", *how, "-shared", *parts, f"{lib}/pigale.def", f"-Wl,--out-implib,{lib}/libpigale.dll.a", "-o", f"{program}/pigale.dll")
+        # by itself the linker takes a base by the path that it writes to, and two builds would differ
+        call(f"{MINGW}-gcc", *how, "-shared", "-Wl,--image-base,0x180000000", *parts, f"{lib}/pigale.def", f"-Wl,--out-implib,{lib}/libpigale.dll.a", "-o", f"{program}/pigale.dll")
         call(f"{MINGW}-gcc", *how, "-O2", "-Wall", "-Werror", f"-I{ROOT}/include", f"{ROOT}/library/program.c", *parts, "-o", f"{program}/pigale.exe")
 
 
