@@ -86,10 +86,18 @@ def differ(runs, wanted, found, by):
     return len(wrong)
 
 
-def hold(program, by=None):
-    """Holds a program, a list of words, to the file; returns how many of its answers are others."""
+def hold(program, by=None, tries=1):
+    """Holds a program, a list of words, to the file; returns how many of its answers are others. With more tries than one a run
+    that is answered otherwise is made again, by itself, which is said."""
     runs, wanted = read()
-    return differ(runs, wanted, many(program, runs), by or os.path.basename(program[-1]))
+    found = many(program, runs)
+    by = by or os.path.basename(program[-1])
+    for _ in range(tries - 1):
+        for at, (run, want) in enumerate(zip(runs, wanted)):
+            if found[at] != want:
+                print(f"answers: {by} is asked again: {' '.join(run[0])}, which ended with status {found[at][0]} and {len(found[at][1])} bytes")
+                found[at] = answer(program, *run)
+    return differ(runs, wanted, found, by)
 
 
 def hold_library(path):

@@ -84,13 +84,15 @@ def hold_windows(path):
         folder = packing.unpack(path, room)
         # wine makes its folders at its first start, and says so
         subprocess.run([*words, f"{folder}/bin/pigale.exe", "count"], stdin=subprocess.DEVNULL, capture_output=True, check=False)
-        wrong = answers.hold([*words, f"{folder}/bin/pigale.exe"])
+        # wine now and then fails to start one of many processes
+        tries = 3 if words else 1
+        wrong = answers.hold([*words, f"{folder}/bin/pigale.exe"], tries=tries)
         if on_windows:
             wrong += answers.hold_library(f"{folder}/bin/pigale.dll")
         elif not missing(f"{MINGW}-gcc"):
             made = compiled([f"{MINGW}-gcc"], "-O2", f"-I{folder}/include", f"{ROOT}/library/program.c", f"-L{folder}/lib",
                             f"{folder}/lib/libpigale.dll.a", "-o", f"{folder}/bin/caller.exe")
-            wrong += answers.hold([*words, f"{folder}/bin/caller.exe"], "pigale.dll") if made else 1
+            wrong += answers.hold([*words, f"{folder}/bin/caller.exe"], "pigale.dll", tries) if made else 1
     return "native" if on_windows else "wine", wrong
 
 
